@@ -40,7 +40,7 @@ pub fn law_of_no_change_elsewhere()
 {}
 
 /// No step changes what the network document says: how each chain runs programs, where it is, what it lists, its pallets, its fee
-/// account, and its channels.
+/// account, whether it has calls and locks, its pools, and its channels.
 pub fn law_of_constant_settings()
     ensures exec { (w : World) (chain : ChainId) (account bytes : List ℕ)
         → all_settings (exec w chain account bytes).world ≡ all_settings w }

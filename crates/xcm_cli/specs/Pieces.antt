@@ -1,4 +1,4 @@
--- A text that is written in pieces, so that none of them is long. This project's own rule.
+-- A text that is written in pieces, each of which is made when those before it are written. This project's own rule.
 use Rattle.std.specs.Prelude.{◌≡◌, ℕ, ◌≤◌, List, Option, None, Some, Result, Ok}
 use Rattle.std.specs.Io.KnownBytes.{Appends}
 use Rattle.xcm_io.specs.Bytes.{IsFront, IsProperFront}

@@ -10,17 +10,15 @@ use Rattle.line_serving.specs.Replies.{Reply, ends, then_on, fits_limits, max_in
 use Rattle.line_serving.specs.Calls.{Writes, Finishes}
 use Rattle.line_serving.proofs.Lemmas.{wrote_front}
 use Rattle.plain_lists.proofs.Lemmas.Facts.{second_true as both}
-use Rattle.xcm_compose.specs.declared.expected.Expected.TheVariants.{Same}
 use Rattle.xcm_compose.specs.declared.composer.Composer.{Composer}
-use Rattle.xcm_compose.specs.Answers.{IsAnswer, refused_line}
+use Rattle.xcm_compose.specs.Answers.{IsAnswer, StandsFor, unwritten}
 use Rattle.xcm_compose.specs.Replies.{goes_on, begun_tree, with_line, Chosen, IsAnswered, IsReply, IsTextReply, IsInBounds}
 use Rattle.xcm_compose.specs.Runs.{Ways, Proceeds, Concludes}
 
 -- ---- something may always come
 
-some_answer : (tree : List ℕ) → (text : List ℕ) × IsAnswer tree text
-some_answer [] = ([], refl)
-some_answer (b ∷ tree) = (refused_line 0 Same, inr (record { line = 0; expected = Same; refused = refl }))
+some_answer : (tree : List ℕ) → (text : List ℕ) × StandsFor tree text
+some_answer tree = (unwritten, inr refl)
 
 pub answered_then : (tree : List ℕ) (IsRest : Reply → Type 0) → (whole : Reply) × IsRest whole → (whole : Reply) × IsAnswered tree IsRest whole
 answered_then tree IsRest rest = let a = some_answer tree in (then_on a.0 rest.0, (a.0, rest.0, a.1, rest.1, refl))
@@ -95,8 +93,8 @@ answers_tree taken tree text old new now then told result off n t a w = record {
   front = λ lines.
       let rest = some_reply taken (begun_tree text) lines in
       let f = wrote_front told None old new result w in
-      (then_on told rest.0, rw off (told, rest.0, a, rest.1, refl), (f.0 ++ rest.0.text, ap (λ x. x ++ rest.0.text) f.1 ∙ append_assoc w.part f.0 rest.0.text));
-  goes_on = λ e lines rest r. elim w.whole [ inl h ↦ rw off (told, rest, a, rw (← n, ← t) r, ap (λ x. then_on x rest) h.1) | inr h ↦ absurd cc ];
+      (then_on told rest.0, rw off (told, rest.0, inl a, rest.1, refl), (f.0 ++ rest.0.text, ap (λ x. x ++ rest.0.text) f.1 ∙ append_assoc w.part f.0 rest.0.text));
+  goes_on = λ e lines rest r. elim w.whole [ inl h ↦ rw off (told, rest, inl a, rw (← n, ← t) r, ap (λ x. then_on x rest) h.1) | inr h ↦ absurd cc ];
   ended = λ status e k lines. elim w.whole [ inl h ↦ absurd cc | inr h ↦ absurd (k cc) ];
 }
 
@@ -121,8 +119,8 @@ unfolding IsReply
 concludes_told taken tree told old new result a f = record {
   text = f.text;
   appends = f.appends;
-  front = (ends told Done, (told, a, refl), f.front);
-  ended = λ status e n. (told, a, sym (f.ended status (ap (λ x. Ok x) cc) n));
+  front = (ends told Done, (told, inl a, refl), f.front);
+  ended = λ status e n. (told, inl a, sym (f.ended status (ap (λ x. Ok x) cc) n));
 }
 
 -- memory was refused there

@@ -5,7 +5,7 @@ use Rattle.input_lines.specs.Step.{is_no_step}
 use Rattle.line_serving.specs.Replies.{Reply, ends, then_on, fits_limits, max_input}
 use Rattle.line_serving.specs.declared.status.Status.TheVariants.{Done, TooLong}
 use Rattle.xcm_compose.specs.declared.composer.Composer.{Composer}
-use Rattle.xcm_compose.specs.Answers.{IsAnswer}
+use Rattle.xcm_compose.specs.Answers.{StandsFor}
 
 -- a line of this text belongs to the tree that has begun: there is one, and the text begins with a space
 unfoldable pub goes_on : List ℕ → List ℕ → Bool
@@ -28,12 +28,12 @@ Chosen false A B = B
 -- the tree is answered, and then come the others
 abbrev pub IsAnswered : List ℕ → (Reply → Type 0) → Reply → Type 0
 IsAnswered tree IsRest whole =
-    (text : List ℕ) × (rest : Reply) × IsAnswer tree text × IsRest rest × (whole ≡ then_on text rest)
+    (text : List ℕ) × (rest : Reply) × StandsFor tree text × IsRest rest × (whole ≡ then_on text rest)
 
 -- What may be written for these lines, after which the input ends, and the answer: with a tree that has begun and so many bytes before them.
 -- A tree is answered where the next line doesn't belong to it, or the input ends; of one at whose lines the input passes a limit nothing is said.
 unfoldable pub IsReply : ℕ → List ℕ → List (List ℕ) → Reply → Type 0
-IsReply taken tree [] whole = (text : List ℕ) × IsAnswer tree text × (whole ≡ ends text Done)
+IsReply taken tree [] whole = (text : List ℕ) × StandsFor tree text × (whole ≡ ends text Done)
 IsReply taken tree (line ∷ lines) whole =
     Chosen (fits_limits taken line)
     (Chosen (goes_on tree (text_of line))

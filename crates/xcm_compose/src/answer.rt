@@ -1,16 +1,17 @@
 //! What is answered to a tree.
 
-ghost use Rattle.std.specs.Prelude.{◌≡◌, ◌≤◌, IfOk, IfSome, IsTrue, string_bytes};
+ghost use Rattle.std.specs.Prelude.{◌≡◌, ◌≢◌, ◌≤◌, List, ℕ, IfOk, MatchOption, IsTrue, IsFalse, string_bytes};
+ghost use Rattle.xcm_program.specs.declared.instruction.Instruction.{Instruction};
 ghost use Rattle.xcm_program.specs.Measure.{deep_count};
 ghost use Rattle.message_text.specs.Messages.{program_text};
 ghost use Rattle.xcm_explain.specs.Blocks.{message_tree};
-ghost use Rattle.xcm_compose.specs.Answers.{IsAnswer, IsJudged, IsTreeRefused, IsExplained, refused_line, message_line};
+ghost use Rattle.versioned_xcm.specs.Message.{IsDecoded};
+ghost use Rattle.xcm_compose.specs.Answers.{IsAnswer, IsJudged, IsTreeRefused, IsExplained, IsOnly, HasNoMessage, refused_line, message_line};
 
-use crate::expected::{Expected, Stop};
-use crate::trees::{Numbered, bytes_of_tree};
 use message_text::{hex_text, message_text};
 use std::alloc::{AllocError, Global};
-use versioned_xcm::{MessageFault, decode_message};
+use tree_reading::{Expected, Numbered, TreeFault, bytes_of_tree};
+use versioned_xcm::{MessageFault, decode_message, law_of_round_trip};
 use xcm_program::Program;
 
 /// The tree of a program under a heading of this number and version.
@@ -30,16 +31,21 @@ fn headed_tree(
 
 /// The tree of a message under a heading of this number, or `None` where the bytes are no message.
 fn explained(alloc: Global, number: u64, bytes: &[u8]) -> Result<Option<String>, AllocError>
-    ensures { IfOk result (λ o. IfSome o (λ text. IsExplained number bytes.now
-        (string_bytes text))) }
+    ensures { IfOk result (λ o. MatchOption o
+        ((program : List Instruction) → IsDecoded bytes.now program → ⊥)
+        (λ text. IsExplained number bytes.now (string_bytes text))) }
 {
+    // For the prover alone: what is refused is the message of no program.
+    law_of_round_trip();
     match decode_message(alloc, bytes) {
         Ok(program) => match headed_tree(alloc, number, bytes[0], &program) {
             Ok(text) => Ok(Some(text)),
             Err(refused) => Err(refused),
         },
-        Err(MessageFault::Memory) => Err(AllocError),
-        Err(_) => Ok(None),
+        Err(fault) => match fault {
+            MessageFault::Memory => Err(AllocError),
+            _ => Ok(None),
+        },
     }
 }
 
@@ -67,16 +73,18 @@ fn refused_line(alloc: Global, line: u64, expected: Expected) -> Result<String, 
     format!(in alloc; "line {line} refused, expected {expected}\n")
 }
 
-/// As `refused_line`, by what it is to a tree.
+/// As `refused_line`, by what it is to a tree that no message has.
 fn refusal(alloc: Global, line: u64, expected: Expected) -> Result<String, AllocError>
-    ensures { IfOk result (λ text. IsTreeRefused (string_bytes text)) }
+    ensures { (tree : List ℕ) → HasNoMessage tree
+        → IfOk result (λ text. IsTreeRefused tree (string_bytes text)) }
 {
     refused_line(alloc, line, expected)
 }
 
 /// Whether the two are the same bytes.
 fn is_same(one: &[u8], other: &[u8]) -> bool
-    ensures { IsTrue result → one.now ≡ other.now }
+    ensures same { IsTrue result → one.now ≡ other.now }
+    ensures other { IsFalse result → one.now ≢ other.now }
 {
     one == other
 }
@@ -88,13 +96,15 @@ fn differing_line(
     tree: &[u8],
     shown: &[u8],
 ) -> Result<String, AllocError>
-    ensures { IfOk result (λ text. IsTreeRefused (string_bytes text)) }
+    ensures { HasNoMessage tree.now
+        → IfOk result (λ text. IsTreeRefused tree.now (string_bytes text)) }
 {
     let row = differing_row(shown, tree);
     refusal(alloc, start.saturating_add(row as u64), Expected::Same)
 }
 
-/// What is answered to a tree where this text is the tree of the bytes that were made of it: they are its message where the two are the same.
+/// What is answered to a tree where this text is the tree of the bytes that were made of it: they are its message where the two are the same, and else it
+/// has none.
 fn compared(
     alloc: Global,
     start: u64,
@@ -102,7 +112,8 @@ fn compared(
     made: &Numbered,
     text: &str,
 ) -> Result<String, AllocError>
-    requires { IsExplained made.now.number made.now.bytes.items text.now }
+    requires explained { IsExplained made.now.number made.now.bytes.items text.now }
+    requires only { IsOnly made.now.number made.now.bytes.items tree.now }
     ensures { IfOk result (λ answer. IsJudged tree.now (string_bytes answer)) }
 {
     let shown = text.as_bytes();
@@ -112,8 +123,9 @@ fn compared(
     differing_line(alloc, start, tree, shown)
 }
 
-/// What is answered to a tree from which these bytes were made.
+/// What is answered to a tree from which these bytes were made, where no others can have it.
 fn judged(alloc: Global, start: u64, tree: &[u8], made: &Numbered) -> Result<String, AllocError>
+    requires { IsOnly made.now.number made.now.bytes.items tree.now }
     ensures { IfOk result (λ text. IsJudged tree.now (string_bytes text)) }
 {
     match explained(alloc, made.number, made.bytes.as_slice()) {
@@ -129,10 +141,10 @@ fn tree_answer(alloc: Global, start: u64, tree: &[u8]) -> Result<String, AllocEr
 {
     match bytes_of_tree(alloc, tree) {
         Ok(made) => judged(alloc, start, tree, &made),
-        Err(Stop::Row(row, expected)) => {
+        Err(TreeFault::Row(row, expected)) => {
             refusal(alloc, start.saturating_add(row as u64), expected)
         }
-        Err(Stop::Memory) => Err(AllocError),
+        Err(TreeFault::Memory) => Err(AllocError),
     }
 }
 

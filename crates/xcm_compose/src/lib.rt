@@ -2,19 +2,10 @@
 #![tactic(auto)]
 
 mod answer;
-mod assets;
 mod composer;
-mod encoder;
-mod expected;
 mod lines;
-mod programs;
-mod queries;
-mod rows;
 mod running;
-mod table;
 mod top;
-mod trees;
-mod values;
 
 pub use line_serving::Status;
 pub use top::compose;

@@ -1,0 +1,13 @@
+pub mod Rows
+pub mod Puts
+pub mod Assets
+pub mod Errors
+pub mod Pallets
+pub mod Responses
+pub mod Kinds
+pub mod Expectations
+pub mod Took
+pub mod Table
+pub mod FieldRows
+pub mod Programs
+pub mod Trees
